@@ -57,13 +57,14 @@ pub(crate) fn add_to(report: CostReport, stream: Option<Stream>, more: Costs) ->
     }
 }
 
-fn stream_named(number: u8) -> Option<Stream>
+// The stream with a number, if it is one's.
+pub(crate) fn stream_named(number: u8) -> Option<Stream>
     ensures { result ≡ cond (is_stream number) (Some (stream_of number)) None }
 {
     Stream::try_from(number).ok()
 }
 
-// The same by the stream's number; one that is no stream's adds nothing.
+// What add_to adds, by the stream's number; one that is no stream's adds nothing.
 pub fn add_own(report: CostReport, number: u8, more: Costs) -> Option<CostReport>
     ensures { told_sum result ≡ summed (plus report (only number more)) }
 {

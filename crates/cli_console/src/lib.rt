@@ -27,7 +27,7 @@ impl Console {
     }
 }
 
-// A read that failed: what failed is said already. Before it as many bytes came as are held.
+// A read that failed: what failed is said already. `held` counts the bytes that are there all the same.
 #[derive(Clone, Copy, Debug, PartialEq, Eq)]
 pub struct Failed {
     pub held: usize,
