@@ -18,7 +18,7 @@ use Rattle.capture_report.specs.declared.CostReport.{CostReport}
 use Rattle.capture_report.specs.Report.{costs_plus, plus, past64, costs_fit, no_costs, summed}
 use Rattle.capture_report.specs.Costs.{Heard, begins, finishes, replaces, drops, payload_in}
 use Rattle.capture_report.specs.Turns.{costs_by, report_with}
-use Rattle.capture_tally.specs.Count.{stream_in, only}
+use Rattle.capture_tally.specs.Count.{stream_in, only, only_for}
 
 -- ---- one stream's numbers added alone
 
@@ -61,21 +61,21 @@ told_by t r = cond t (given r) (refused (19, 0))
 
 module _ (r : CostReport) (more : Costs) (c : costs_fit r.control ≡ true) (o : costs_fit r.ota ≡ true) (a : costs_fit r.alexa ≡ true) where
   pub on-control : (t : Bool) → costs_fit (costs_plus r.control more) ≡ t
-      → told_by t (record { control = costs_plus r.control more; ota = r.ota; alexa = r.alexa }) ≡ summed (plus r (only (Some Control) more))
+      → told_by t (record { control = costs_plus r.control more; ota = r.ota; alexa = r.alexa }) ≡ summed (plus r (only_for (Some Control) more))
   on-control true f = rw (none_more r.ota, none_more r.alexa, f, o, a)
   on-control false f = rw (none_more r.ota, none_more r.alexa, f)
 
   pub on-ota : (t : Bool) → costs_fit (costs_plus r.ota more) ≡ t
-      → told_by t (record { control = r.control; ota = costs_plus r.ota more; alexa = r.alexa }) ≡ summed (plus r (only (Some Ota) more))
+      → told_by t (record { control = r.control; ota = costs_plus r.ota more; alexa = r.alexa }) ≡ summed (plus r (only_for (Some Ota) more))
   on-ota true f = rw (none_more r.control, none_more r.alexa, f, c, a)
   on-ota false f = rw (none_more r.control, none_more r.alexa, f, c)
 
   pub on-alexa : (t : Bool) → costs_fit (costs_plus r.alexa more) ≡ t
-      → told_by t (record { control = r.control; ota = r.ota; alexa = costs_plus r.alexa more }) ≡ summed (plus r (only (Some Alexa) more))
+      → told_by t (record { control = r.control; ota = r.ota; alexa = costs_plus r.alexa more }) ≡ summed (plus r (only_for (Some Alexa) more))
   on-alexa true f = rw (none_more r.control, none_more r.ota, f, c, o)
   on-alexa false f = rw (none_more r.control, none_more r.ota, f, c, o)
 
-  pub on_none : given r ≡ summed (plus r (only None more))
+  pub on_none : given r ≡ summed (plus r (only_for None more))
   on_none = rw (none_more r.control, none_more r.ota, none_more r.alexa, c, o, a)
 
 -- ---- what a packet adds is its own stream's
@@ -95,23 +95,27 @@ alone h mine = mine-alone mine (begins h) (finishes h.told) (replaces h.told) (d
 
 by-streams : (n : ℕ) (c : Costs) (zero two six : Bool) → eqb n 0 ≡ zero → eqb n 2 ≡ two → eqb n 6 ≡ six
     → ◌≡◌ {A = CostReport} (record { control = cond (eqb n 0) c no_costs; ota = cond (eqb n 2) c no_costs; alexa = cond (eqb n 6) c no_costs })
-    (only (cond (is_stream n) (Some (stream_of n)) None) c)
+    (only_for (cond (is_stream n) (Some (stream_of n)) None) c)
 unfolding is_stream stream_of
 by-streams n c true two six z t s = let e : n ≡ 0 = eqb-true n 0 z in rw e
 by-streams n c false true six z t s = let e : n ≡ 2 = eqb-true n 2 t in rw e
 by-streams n c false false true z t s = let e : n ≡ 6 = eqb-true n 6 s in rw e
 by-streams n c false false false z t s = rw (z, t, s)
 
+-- the costs of the stream with a number are those of the stream that it is
+pub only-numbered : (n : ℕ) (c : Costs) → only n c ≡ only_for (cond (is_stream n) (Some (stream_of n)) None) c
+only-numbered n c = by-streams n c (eqb n 0) (eqb n 2) (eqb n 6) refl refl refl
+
 of-packet : (p : List ℕ) (c : Costs)
     → ◌≡◌ {A = CostReport} (record { control = cond (is_of 0 p) c no_costs; ota = cond (is_of 2 p) c no_costs; alexa = cond (is_of 6 p) c no_costs })
-    (only (stream_in p) c)
+    (only_for (stream_in p) c)
 of-packet [] c = refl
 of-packet (b ∷ p) c =
     by-streams (stream_bits b) c (eqb (stream_bits b) 0) (eqb (stream_bits b) 2) (eqb (stream_bits b) 6) refl refl refl
 
 pub own_alone : (h : Heard)
     → report_with h
-    ≡ only (stream_in h.packet) (costs_by true (begins h) (finishes h.told) (replaces h.told) (drops h.told) (payload_in h.told) (length h.packet))
+    ≡ only_for (stream_in h.packet) (costs_by true (begins h) (finishes h.told) (replaces h.told) (drops h.told) (payload_in h.told) (length h.packet))
 unfolding report_with
 own_alone h =
     rw (alone h (is_of 0 h.packet), alone h (is_of 2 h.packet), alone h (is_of 6 h.packet)) (of-packet h.packet (own h))

@@ -10,7 +10,7 @@ ghost use Rattle.capture_report.specs.Turns.{costs_by, report_with, open_costs, 
 ghost use Rattle.capture_tally.specs.Count.{stream_in};
 ghost use Rattle.capture_tally.specs.Tally.{told_sum};
 
-use crate::sums::add_own;
+use crate::sums::{add_to, stream_named};
 use ble_packet::header;
 use ble_slot::answer::{Accepted, Refusal};
 use ble_slot::{Slot, lane_of};
@@ -36,7 +36,7 @@ fn stream_field(packet: &[u8]) -> Option<Stream>
     ensures { result ≡ stream_in packet.now }
 {
     let first = packet.first()?;
-    Stream::try_from(header::stream_bits(*first)).ok()
+    stream_named(header::stream_bits(*first))
 }
 
 // What a packet and what was told of it add to its own stream.
@@ -94,7 +94,7 @@ pub fn count_packet(
 ) -> Option<CostReport>
     ensures { told_sum result ≡ on_top (told_sum sum) (report_with (heard packet.now (told answer))) }
 {
-    add_own(sum?, stream_field(packet), costs_with(packet, answer))
+    add_to(sum?, stream_field(packet), costs_with(packet, answer))
 }
 
 // How many of a stream's slots are open.

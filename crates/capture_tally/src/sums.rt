@@ -1,8 +1,9 @@
 // Sums of a report's numbers, each within 64 bits.
 ghost use Rattle.std.specs.Prelude.{◌≡◌, Some, None, cond};
+ghost use Rattle.wire.specs.Stream.{is_stream, stream_of};
 ghost use Rattle.capture_report.specs.Report.{costs_plus, plus, costs_fit, summed};
 ghost use Rattle.capture_report.specs.Turns.{on_top};
-ghost use Rattle.capture_tally.specs.Count.{only};
+ghost use Rattle.capture_tally.specs.Count.{only, only_for};
 ghost use Rattle.capture_tally.specs.Tally.{told_sum};
 
 use capture_report::{CostReport, Costs};
@@ -34,8 +35,8 @@ fn add_reports(a: CostReport, b: CostReport) -> Option<CostReport>
 }
 
 // What a packet of a stream adds: the numbers of the other two stay. No stream, nothing.
-pub(crate) fn add_own(report: CostReport, stream: Option<Stream>, more: Costs) -> Option<CostReport>
-    ensures { told_sum result ≡ summed (plus report (only stream more)) }
+pub(crate) fn add_to(report: CostReport, stream: Option<Stream>, more: Costs) -> Option<CostReport>
+    ensures { told_sum result ≡ summed (plus report (only_for stream more)) }
 {
     let Some(stream) = stream else {
         return Some(report);
@@ -54,6 +55,20 @@ pub(crate) fn add_own(report: CostReport, stream: Option<Stream>, more: Costs) -
             ..report
         }),
     }
+}
+
+// The stream with a number, if it is one's.
+pub(crate) fn stream_named(number: u8) -> Option<Stream>
+    ensures { result ≡ cond (is_stream number) (Some (stream_of number)) None }
+{
+    Stream::try_from(number).ok()
+}
+
+// What add_to adds, by the stream's number; one that is no stream's adds nothing.
+pub fn add_own(report: CostReport, number: u8, more: Costs) -> Option<CostReport>
+    ensures { told_sum result ≡ summed (plus report (only number more)) }
+{
+    add_to(report, stream_named(number), more)
 }
 
 // With more on top; what is over stays over.

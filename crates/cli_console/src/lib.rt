@@ -4,6 +4,7 @@
 pub mod sentences;
 
 ghost use Rattle.std.specs.Prelude.{◌≡◌, true, false, ◌≤◌, length, IfOk, IfSome, OnOk, OnErr};
+ghost use Rattle.std.specs.Result.{IfErr};
 
 use std::env::FillError;
 use std::io;
@@ -26,9 +27,11 @@ impl Console {
     }
 }
 
-// A read that failed: what failed is said already.
+// A read that failed: what failed is said already. `held` counts the bytes that are there all the same.
 #[derive(Clone, Copy, Debug, PartialEq, Eq)]
-pub struct Failed;
+pub struct Failed {
+    pub held: usize,
+}
 
 // Standard output, and whether a write to it has failed: nothing more is then written. Kept beside the console and no error in its
 // place, since a listing goes on after a failed write: what refuses the input is still said on the error output, as programs must print.
@@ -48,25 +51,32 @@ impl Output {
         }
     }
 
+    fn after(self, written: io::Result<()>) -> Self
+        ensures ok { OnOk written (result.failed ≡ self.failed) }
+        ensures err { OnErr written (result.failed ≡ true) }
+    {
+        match written {
+            Ok(()) => self,
+            Err(error) => {
+                fail(self.console, b"standard output", error);
+                Output {
+                    console: self.console,
+                    failed: true,
+                }
+            }
+        }
+    }
+
     // Writes, unless a write has failed.
     fn write<F: FnOnce(Stdout) -> io::Result<()> + Drop>(self, write: F) -> Self
         requires { F.pre write self.console.output }
         ensures { self.failed ≡ true → result.failed ≡ true }
     {
-        let console = self.console;
         if self.failed {
             return self;
         }
-        match write(console.output) {
-            Ok(()) => self,
-            Err(error) => {
-                fail(console, b"standard output", error);
-                Output {
-                    console,
-                    failed: true,
-                }
-            }
-        }
+        let console = self.console;
+        self.after(write(console.output))
     }
 
     pub fn text(self, words: &[u8]) -> Self
@@ -174,9 +184,11 @@ pub fn room<const N: usize>() -> [u8; N]
     [0; N]
 }
 
-fn read_failed(console: Console, error: Error) -> Failed {
+fn read_failed(console: Console, held: usize, error: Error) -> Failed
+    ensures { result.held ≡ held }
+{
     fail(console, b"standard input", error);
-    Failed
+    Failed { held }
 }
 
 // One read of standard input; 0 bytes are the end of the input.
@@ -185,11 +197,13 @@ pub fn read_some<R: Read>(
     input: &mut R,
     bytes: &mut [u8],
 ) -> Result<usize, Failed>
-    ensures { IfOk result (λ n. n ≤ length bytes.new) }
+    ensures came { IfOk result (λ n. n ≤ length bytes.new) }
+    ensures failed { IfErr result (λ failed. failed.held ≤ length bytes.new) }
 {
-    input
-        .read(bytes)
-        .map_err(|error| read_failed(console, error))
+    match input.read(bytes) {
+        Ok(n) => Ok(n),
+        Err(error) => Err(read_failed(console, 0, error)),
+    }
 }
 
 // Reads until the bytes are full, the input ends or a read fails; `held` counts the bytes that came. The library's read_exact tells no
@@ -214,11 +228,14 @@ pub fn read_full<R: Read>(
     input: &mut R,
     bytes: &mut [u8],
 ) -> Result<usize, Failed>
-    ensures { IfOk result (λ n. n ≤ length bytes.new) }
+    ensures came { IfOk result (λ n. n ≤ length bytes.new) }
+    ensures failed { IfErr result (λ failed. failed.held ≤ length bytes.new) }
 {
     let mut held = 0;
-    fill(input, bytes, &mut held).map_err(|error| read_failed(console, error))?;
-    Ok(held)
+    match fill(input, bytes, &mut held) {
+        Ok(()) => Ok(held),
+        Err(error) => Err(read_failed(console, held, error)),
+    }
 }
 
 // Reads until the bytes are full, the input ends or a read fails, of which nothing is said, and tells how many bytes came.

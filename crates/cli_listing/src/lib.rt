@@ -3,6 +3,7 @@
 #![tactic(auto)]
 
 ghost use Rattle.std.specs.Prelude.{◌≡◌, ◌≤◌, length, take, ◌==◌, IfOk};
+ghost use Rattle.std.specs.Result.{IfErr};
 ghost use Rattle.outbox.specs.Format.{format_of, first_place};
 ghost use Rattle.outbox.specs.Reader.{broken_number};
 ghost use Rattle.cli_listing.specs.Listing.{buffer_size, ends_by, listed, listed_of, told_part, carried, carry_of, ListsAsWhole};
@@ -197,14 +198,19 @@ pub fn refill<R: Read>(
     kept: usize,
 ) -> Result<Refilled, Failed>
     requires { kept ≤ length buffer.old }
-    ensures { (IfOk result (λ part. part.held ≤ length buffer.new))
+    ensures came { (IfOk result (λ part. part.held ≤ length buffer.new))
         × (take kept buffer.new ≡ take kept buffer.old) }
+    ensures failed { IfErr result (λ failed. failed.held ≤ length buffer.new) }
 {
-    let read = read_some(console, input, &mut buffer[kept..])?;
-    Ok(Refilled {
-        held: kept + read,
-        last: read == 0,
-    })
+    match read_some(console, input, &mut buffer[kept..]) {
+        Ok(read) => Ok(Refilled {
+            held: kept + read,
+            last: read == 0,
+        }),
+        Err(failed) => Err(Failed {
+            held: kept + failed.held,
+        }),
+    }
 }
 
 // Lists what standard input holds, each record as it comes, up to a read or a write that fails. A part is never full before a read: a

@@ -6,7 +6,7 @@ pub returns : goal.returns
 returns c =
     rw (
       c.in_ok-sum.was,
-      c.add_own.ensures,
+      c.add_to.ensures,
       c.costs_with.ensures,
       c.stream_field.ensures,
       own_alone (heard _ _),
