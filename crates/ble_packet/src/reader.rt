@@ -166,6 +166,7 @@ fn read_control(packet: &[u8], s: StartBits) -> Result<Packet, Refusal>
     Ok(Packet::Nack(s.head))
 }
 
+#[inline(always)]
 fn read_first(limit: usize, packet: &[u8], s: StartBits) -> Result<Packet, Refusal>
     requires { header_size true s.extended ≤ length packet.now }
     ensures { told result ≡ judged limit (fields_by_start packet.now 0 s) }

@@ -57,7 +57,7 @@ pub(crate) fn add_to(report: CostReport, stream: Option<Stream>, more: Costs) ->
     }
 }
 
-// The stream with a number, if it is one's.
+// The stream that has this number; none where no stream has it.
 pub(crate) fn stream_named(number: u8) -> Option<Stream>
     ensures { result ≡ cond (is_stream number) (Some (stream_of number)) None }
 {

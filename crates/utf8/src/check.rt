@@ -16,7 +16,9 @@ pub const LAST_ABOVE: u8 = 0xFF;
 // Bytes that are tested at once.
 const BLOCK: usize = 16;
 
-// How many bytes the sequence has that they begin with, by a search through the table, where a row describes one.
+// How many bytes the sequence has that they begin with, by a search through the table, where a row describes one. Few letters need it:
+// kept apart, it leaves the loop of place_from short.
+#[inline(never)]
 fn searched_len(bytes: &[u8]) -> Option<usize>
     ensures { Tells result (sequence_at bytes.now) }
 {
